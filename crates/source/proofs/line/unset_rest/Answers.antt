@@ -1,7 +1,0 @@
-use Rattle.std.proofs.Common.{Some, codes, sym, ap, ◌∙◌, rules}
-use Rattle.std.proofs.lemmas.List.{take_rest}
-use Rattle.source.proofs.Prefix.{strip-drop}
-use Rattle.source.proofs.line.unset_rest.Goals as goal
-
-pub returns-in-35 : goal.returns-in-35
-returns-in-35 c = ap Some (take_rest c.args.line.now 9) ∙ sym (strip-drop (codes "# CONFIG_") c.args.line.now (search rules) (search rules))
