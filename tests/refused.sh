@@ -1,21 +1,21 @@
 #!/bin/sh
 # Programs that misuse a session must be refused by the compiler, each under the name of its error.
-# usage: tests/refused.sh, after `rt check session`; ends 0 if each is refused as it must be
+# usage: tests/refused.sh; ends 0 if each is refused as it must be
 cd "$(dirname "$0")/.." || exit 2
 work=$(mktemp -d) || exit 2
 trap 'rm -rf "$work"' EXIT
 crate=$work/crates/misuse
-mkdir -p "$crate/src" "$work/target"
+mkdir -p "$crate/src"
 cp -R crates.txt crates "$work"
-cp -R target/rlib target/stamp "$work/target"
 echo 'misuse: kconfig tree session' >>"$work/crates.txt"
 bad=0
 
 # Checks the program with LINE in its place, and shows what the compiler says first.
 program() { # LINE
     cat >"$crate/src/lib.rt" <<END
-use kconfig::Fault;
-use kconfig::Given;
+#![tactic(auto)]
+
+use kconfig::{Fault, Given};
 use session::Session;
 use tree::Tree;
 
@@ -27,7 +27,7 @@ pub fn misuse(text: &[u8], out: &mut [u8]) -> Result<usize, Fault> {
     $1
 }
 END
-    (cd "$work" && rt dev misuse) 2>&1
+    (cd "$crate" && rt check) 2>&1 </dev/null
 }
 
 accept() { # NAME LINE
