@@ -35,7 +35,8 @@ def lines_like(files, pattern):
     return found
 
 
-FUNCTION = re.compile(r"^([ \t]*)(?:pub(?:\(crate\))? )?(?:extern \"C\" )?fn (\w+)(.*?)^\1\{\n(.*?)^\1\}", re.M | re.S)
+# A head ends in the first `{` at the end of a line, and has no empty line.
+FUNCTION = re.compile(r"^([ \t]*)(?:pub(?:\(crate\))? )?(?:extern \"C\" )?fn (\w+)((?:(?!\n\n|\{\n).)*)\{\n(.*?)^\1\}", re.M | re.S)
 
 
 def functions(files):
@@ -63,11 +64,12 @@ def twins(files):
 
 
 def repeated_facts(files):
-    """What three functions and more require."""
+    """What three functions and more of a crate require, or promise."""
     facts = collections.Counter()
-    for _, _, head, _ in functions(files):
-        facts.update(set(re.findall(r"requires (?:\w+ )?\{ (.*?) \}\n", head)))
-    return [f"{n} functions require {fact}" for fact, n in facts.items() if n >= 3]
+    for path, _, head, _ in functions(files):
+        crate = path.split("/")[1]
+        facts.update({(crate, word, fact) for word, fact in re.findall(r"(requires|ensures) (?:\w+ )?\{ (.*?) \}\n", head)})
+    return [f"{n} functions of {crate}: {word} {fact}" for (crate, word, fact), n in facts.items() if n >= 3]
 
 
 def travelling(files):
@@ -92,14 +94,14 @@ def main():
         ("1 a bool for what a change came to", lines_like(code, r"fn .*&mut .*-> bool")),
         ("1 a flag beside a value", lines_like(code, r"^\s+(pub )?\w+: bool,")),
         ("1 a result thrown away", lines_like(code, r"\blet _ =")),
-        ("1 a value for what cannot be", lines_like(code, r"unreachable\(\)|=> (Value::Tri\()?Tri::No\)?,$|^\s+(false|Value::Tri\(Tri::No\))$")),
+        ("1 a value for what cannot be", lines_like(code, r"unreachable\(\)|=> (Value::Tri\()?Tri::No\)?,$|return \(Tri::No, |^\s+(false|Value::Tri\(Tri::No\))$|(unwrap_or|map_or)\((Value::Tri\()?(Tri::No|Kind::\w+|zero_of|&\[\])|=> zero_of|=> value,$")),
         ("2 twins", twins(code)),
         ("3 loops", lines_like(code, r"^\s*(while |loop \{|for \w+ in \S*\.\.)")),
         ("3 searches by a loop", lines_like(code, r"return (Some\()?(i|end|len)\)?;")),
         ("4 equality and order", lines_like(code, r"fn (is|same\w*|is_and|is_or|is_above|is_below|is_no)\(|\b(same|is_no|is_above)\(|\.is\(kind\)|\.is\(other\)")),
         ("4 conversion and printing", lines_like(code, conversion)),
         ("4 a limit as a number", lines_like(code, r"const \w+: \w+ = [\d_]+;|[<;] ?(256|1024|2048|130|64|40)\b[>\]]|[<>]=? 256")),
-        ("5 facts that three functions require", repeated_facts(code)),
+        ("5 facts in the clauses of three functions", repeated_facts(code)),
         ("5 parameters that travel together", travelling(code)),
         ("5 a list behind a function in clauses", lines_like(code, r"(ensures|requires).*\b(held|spelling|content|val_of)\b")),
         ("6 arrays with a length beside", lines_like(code, r"^\s+\w+: \[\w+; \w+\],")),

@@ -1,8 +1,7 @@
 -- A job sheet whose last path is none.
 use Rattle.std.proofs.Common.{◌≡◌, ℕ, List, [], ◌∷◌, Some, None, codes, Option, refl, ap}
-use Rattle.kconfig.specs.Sheets.{Sheet, path_after, run_after, sheet_as, sheet_from, sheet_in}
+use Rattle.kconfig.specs.Sheets.{path_after, run_after, sheet_as, sheet_from, sheet_in}
 use Rattle.kconfig.specs.Sources.{bind}
-use Rattle.kconfig.specs.declared.Run.{Run}
 
 bound_none : {A B : Type 0} (o : Option A) (f : A → Option B) → ((x : A) → f x ≡ None) → bind o f ≡ None
 bound_none None f h = refl

@@ -10,7 +10,7 @@ use Rattle.kconfig.specs.Sources as Rules
 use Rattle.kconfig.specs.Sources.{unset, assigned, nothing, no_form, says, or_else, answer_in, last_answer}
 use Rattle.lines.proofs.Ends.{line_len_within, lines_step}
 use Rattle.source.specs.declared.file.Found.{Found}
-use Rattle.source.specs.declared.line.NoForm.{NoForm}
+use Rattle.kconfig.specs.declared.NoForm.{NoForm}
 use Rattle.source.specs.declared.line.Statement.{Statement}
 use Rattle.source.specs.Lines.{meaning, said_or_nothing, said_of_name}
 use Rattle.source.specs.Places.{found_in, last_found, bytes_at, Inside}

@@ -1,5 +1,5 @@
 -- The guards around something, one by one.
-use Rattle.std.proofs.Common.{◌≡◌, ℕ, zero, suc, ◌<◌, ◌≤◌, Bool, true, false, cond, ltb, List, [], ◌∷◌, slice_get, Some, None, Option, option_and_then, sym, refl, ap, ◌∙◌, arith}
+use Rattle.std.proofs.Common.{◌≡◌, ℕ, zero, suc, ◌≤◌, Bool, true, false, cond, ltb, List, [], ◌∷◌, slice_get, Some, None, Option, option_and_then, sym, refl, ap, ◌∙◌, arith}
 use Rattle.std.proofs.lemmas.Bool.{ltb-true}
 use Rattle.tree.specs.Guards.{earlier, guards_around, guards_from, most, outer_in, outer_of, with_guard}
 use Rattle.tree.specs.declared.Guard.{Guard}

@@ -1,4 +1,4 @@
-use Rattle.std.proofs.Common.{◌≡◌, ◌≤◌, ◌∙◌, length, arith}
+use Rattle.std.proofs.Common.{◌≡◌, ◌∙◌, arith}
 use Rattle.kconfig.specs.Bytes.{line_len}
 use Rattle.lines.proofs.Ends.{ended, line_len_within}
 use Rattle.lines.proofs.line_len.Goals as goal

@@ -1,6 +1,6 @@
 use Rattle.std.proofs.Common.{◌≡◌, ◌∷◌, None, codes, ap, ◌∙◌, sym}
 use Rattle.kconfig.specs.Bytes.{lines}
-use Rattle.kconfig.specs.Sheets.{path_after, sheet_in, sheet_of}
+use Rattle.kconfig.specs.Sheets.{path_after, sheet_in}
 use Rattle.std.specs.Option.{option_map}
 use Rattle.runs.proofs.LastPath.{no_answers}
 use Rattle.runs.proofs.sheets.sheet_of.Goals as goal

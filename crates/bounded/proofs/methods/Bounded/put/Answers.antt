@@ -1,4 +1,4 @@
-use Rattle.std.proofs.Common.{sym, arith}
+use Rattle.std.proofs.Common.{arith}
 use Rattle.std.proofs.Math.Seq.{take-set-lt}
 use Rattle.bounded.proofs.methods.Bounded.put.Goals as goal
 

@@ -1,8 +1,7 @@
-use Rattle.std.proofs.Common.{◌≡◌, List, ◌∷◌, slice_get, Some, sym, ap, ◌∙◌, rules}
+use Rattle.std.proofs.Common.{◌≡◌, ◌∷◌, slice_get, Some, sym, ap, ◌∙◌, rules}
 use Rattle.tree.proofs.Chain.{around_some}
 use Rattle.tree.specs.Guards.{guards_around}
 use Rattle.tree.specs.Model.{guards_of}
-use Rattle.tree.specs.declared.Guard.{Guard}
 use Rattle.tree.proofs.guards.GuardsAroundIterator.next.Goals as goal
 use Rattle.tree.proofs.guards.GuardsAroundIterator.next.Goals.{After-outer-self-inside}
 
