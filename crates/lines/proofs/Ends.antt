@@ -1,6 +1,7 @@
 -- Where a line ends, and the lines after it.
-use Rattle.std.proofs.Common.{◌≡◌, ℕ, suc, ◌+◌, ◌<◌, ◌≤◌, Bool, true, false, cond, not, eqb, List, [], ◌∷◌, length, take, drop, sym, refl, ap, ◌∙◌, arith, Option, Some, None, unwrap_or}
+use Rattle.std.proofs.Common.{◌≡◌, ℕ, suc, ◌+◌, ◌<◌, ◌≤◌, Bool, true, false, cond, not, eqb, List, [], ◌∷◌, ◌++◌, length, take, drop, sym, refl, ap, ◌∙◌, arith, Option, Some, None, unwrap_or}
 use Rattle.std.specs.List.{position_or_len, prefix_len}
+use Rattle.std.proofs.lemmas.Bool.Decides.{nat_tests}
 use Rattle.std.proofs.lemmas.List.Sums.{position_or_len_is, prefix_len-le-length}
 use Rattle.memchr.specs.Find.{IsFirstByte, is_byte}
 use Rattle.kconfig.specs.Bytes.{line_len, lines, on_first}
@@ -28,6 +29,16 @@ ended bs (Some i) h =
     let e : position_or_len (λ b. eqb b 10) bs ≡ i =
     position_or_len_is (λ b. eqb b 10) bs i 0 (omega (arith, h.0.high)) (λ k lt. not_true _ (h.0.before k (omega arith) lt)) (λ lt. h.1) in
     sym e ∙ line_len_is bs
+
+-- the first line feed of a text in two parts
+pub line_len_parts : (front back : List ℕ) → line_len (front ++ back) ≡ cond (eqb (line_len front) (length front)) (length front + line_len back) (line_len front)
+line_len_parts [] back = let e : 0 + line_len back ≡ line_len back = omega arith in sym e
+line_len_parts (b ∷ bs) back = go (eqb b 10) (line_len_parts bs back)
+  where
+    go : (t : Bool) → line_len (bs ++ back) ≡ cond (eqb (line_len bs) (length bs)) (length bs + line_len back) (line_len bs)
+        → cond t 0 (suc (line_len (bs ++ back))) ≡ cond (eqb (cond t 0 (suc (line_len bs))) (suc (length bs))) (suc (length bs) + line_len back) (cond t 0 (suc (line_len bs)))
+    go true ih = grind (arith, nat_tests)
+    go false ih = grind (arith, nat_tests)
 
 pub line_len_within : (bs : List ℕ) → line_len bs ≤ length bs
 line_len_within bs = omega (arith, line_len_is bs, prefix_len-le-length (λ b. not (eqb b 10)) bs)

@@ -2,7 +2,7 @@ use Rattle.std.proofs.Common.{◌≡◌, ◌+◌, ◌≤◌, length}
 use Rattle.std.specs.Iterator.Adapters.{enumerate_count, enumerate_source}
 use Rattle.kconfig.specs.Bytes.{lines}
 use Rattle.kconfig.specs.Sources.{first_formless}
-use Rattle.source.proofs.file.FileText.read.Given as goal
+use Rattle.source.proofs.FileText.read.Given as goal
 
 abbrev pub invariant-loop-index : goal.invariant-loop-index
 invariant-loop-index l =
